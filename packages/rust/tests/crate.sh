@@ -187,17 +187,6 @@ refuses_feature() {
   ! over_compat "$1" cargo check 2>"$room/refused" && grep -q 'getrandom_04 need the feature `std`' "$room/refused"
 }
 
-# Checks that the crate builds below a workspace of its user.
-builds_in_a_workspace() (
-  rm -rf "$room/own" && mkdir -p "$room/own/lib" "$room/own/app/src" &&
-    cp -r Cargo.toml README.md build.rs src "$room/own/lib" && cd "$room/own" &&
-    printf '[workspace]\nmembers = ["app"]\n' >Cargo.toml &&
-    printf '%s\n' '[package]' 'name = "app"' 'version = "1.0.0"' '[dependencies]' \
-      'yervound-rapidhash = { path = "../lib" }' >app/Cargo.toml &&
-    echo 'fn main() { println!("{}", rapidhash::v3::rapidhash_v3(b"hello")); }' >app/src/main.rs &&
-    [ "$(cargo run --quiet --offline)" = 3327445792987248966 ]
-)
-
 # Checks that a use of what the crate deprecates is one here, by an attribute that fails if nothing is deprecated.
 deprecates() {
   over_compat 'std' true && printf '%s\n' '#[expect(deprecated)]' \
@@ -328,7 +317,6 @@ test_by_a_compiler() {
   try_with "features_of_the_compiler$1" "$2" finds_its_features
   try_with "no_dependency$1" "$2" bash -c '[ "$(cargo tree | wc -l)" -eq 1 ]'
   try_with "package$1" "$2" packages
-  try_with "in_a_workspace$1" "$2" builds_in_a_workspace
   try_with "readme$1" "$2" readme_runs README.md cargo
   try_with "page_of_moving$1" "$2" readme_runs "$top/docs/MIGRATING.md" cargo
 }
