@@ -79,7 +79,7 @@ export class Library {
       this.exports.memory.grow(Math.ceil(missing / page));
     } catch {
       throw new RangeError(`not enough memory in WebAssembly for ${length} bytes at once: ` +
-        "V3 and its relatives hash such a message in pieces");
+        "V3, micro and nano hash such a message in pieces");
     }
     return this.views.bytes;
   }

@@ -150,8 +150,8 @@ static PyObject *kept_integer(PyObject *field)
     return Py_INCREF(field), field;
 }
 
-/* Sets a number to the integer of a field that has one, and else to the field, or to NULL with an error set. Returns
- * whether the field is none without one. */
+/* Sets a number to the integer of a field that has one, else to the field, or to NULL with an error set. Returns
+ * whether it is the field for want of an integer. */
 static int keep_number(PyObject *field, PyObject **number)
 {
     struct key key;

@@ -223,7 +223,7 @@ test("a message too large for the memory", () => {
   prototype.grow = grow;
   assert.equal(pages, 65536);
   const message = `not enough memory in WebAssembly for ${room + 1} bytes at once: ` +
-    "V3 and its relatives hash such a message in pieces";
+    "V3, micro and nano hash such a message in pieces";
   for (const call of [v1, v3Protected])
     assert.throws(() => call(long), { name: "RangeError", message });
   const hasher = new V3();

@@ -117,7 +117,7 @@ class Table:
     def ask(self, query):
         self.cursor.execute(query)
         rows = self.cursor.fetchall()
-        if any(isinstance(row, dict) for row in rows[:1]):
+        if rows and isinstance(rows[0], dict):
             raise TypeError("the connection returns dicts: pass one that returns tuples")
         self.moved += len(rows)
         return rows

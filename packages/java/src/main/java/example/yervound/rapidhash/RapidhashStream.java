@@ -10,7 +10,7 @@ import java.util.Objects;
 import java.util.zip.Checksum;
 
 /**
- * Hashes a message in pieces, with V3 or a relative: {@code Rapidhash.V3.stream()} starts it. The value is that of
+ * Hashes a message in pieces, as {@code Rapidhash.V3.stream()} starts it. The value is that of
  * {@link Rapidhash#hash(byte[])} for the whole message, however it is cut. One thread at a time may use a stream.
  */
 public final class RapidhashStream implements Checksum {

@@ -12,8 +12,8 @@ import java.nio.ByteOrder;
 import java.nio.charset.Charset;
 
 /**
- * V3 or a relative as a function of Guava: {@code new RapidhashFunction(Rapidhash.V3, Secrets.make(42))}. Hashes the
- * bytes that Guava specifies for a number, a text or an object. {@link HashCode#asLong()} returns the hash. The
+ * A version with streams as a function of Guava: {@code new RapidhashFunction(Rapidhash.V3, Secrets.make(42))}. Hashes
+ * the bytes that Guava specifies for a number, a text or an object. {@link HashCode#asLong()} returns the hash. The
  * function is thread-safe, but one thread at a time may use a {@link Hasher}.
  */
 public final class RapidhashFunction implements HashFunction {
